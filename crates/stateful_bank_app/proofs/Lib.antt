@@ -1,3 +1,4 @@
+pub mod Uncalled
 pub mod Drafting
 pub mod Outcomes
 pub mod Turning

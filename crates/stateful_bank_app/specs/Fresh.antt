@@ -1,6 +1,14 @@
 -- Databases on empty media.
-use Rattle.std.specs.Prelude.{◌≡◌, ℕ, ◌<◌, ◌≤◌, Some}
+use Rattle.std.specs.Prelude.{◌≡◌, ℕ, ◌<◌, ◌≤◌, List, [], get_or, Option, Some}
+use Rattle.stateful_db.specs.Calls.{Calls, uncalled}
 use Rattle.stateful_db.specs.Databases.{Databases}
+use Rattle.stateful_db.specs.declared.database.DbCall.{DbCall}
+
+-- on none of so many databases a call was made, and those are to fail that are listed for its number,
+-- or none where no list is left for it
+abbrev pub AreUncalled : ℕ → (ℕ → Option Calls) → List (List (DbCall × ℕ)) → Type 0
+AreUncalled count calls failing =
+    (i : ℕ) → i < count → calls i ≡ Some (uncalled (get_or failing i []))
 
 module _ {Ids States Targets : Type 0} (d : Databases Ids States Targets) where
   -- the database of this number keeps durably a checkpoint of its part of these states

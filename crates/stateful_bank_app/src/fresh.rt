@@ -1,5 +1,6 @@
 //! Worlds whose databases can be made anew.
 
+use crate::failing::Failing;
 use crate::world::World;
 use stateful_db::DatabaseSet;
 use std::alloc::Global;
@@ -10,14 +11,17 @@ pub type Config<W> = <<W as World>::Databases as DatabaseSet>::Config;
 /// A world whose databases can be made anew, on empty media.
 pub trait Fresh: World + Drop {
     ghost use Rattle.std.specs.Prelude.{◌≡◌, ℕ};
-    ghost use Rattle.stateful_bank_app.specs.Fresh.{AreEmpty};
+    ghost use Rattle.stateful_bank_app.specs.Fresh.{AreEmpty, AreUncalled};
 
-    /// The databases are closed on empty media, of which no call is listed as one that fails.
+    /// The databases are closed on empty media.
     ghost blank: { Self.Databases → Type 0 };
 
-    /// The databases, each closed on an empty medium that hasn't failed. No call on it is to fail.
-    fn empty(alloc: Global) -> Self::Databases
+    /// The databases, each closed on an empty medium on which no call was made. The calls that are
+    /// to fail are those that are listed for its number.
+    fn empty(alloc: Global, failing: Failing) -> Self::Databases
         ensures blank { blank result }
+        ensures calls { AreUncalled Self.Databases.kind.count (Self.Databases.calls result)
+            failing }
         ensures counts { (i : ℕ) → Self.Databases.counted result i ≡ 0 };
 
     /// How the databases are opened.

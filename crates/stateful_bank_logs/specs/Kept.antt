@@ -1,6 +1,6 @@
 -- The databases of balances and of amounts by themselves: what each means, wherever it is, and when
 -- it is empty.
-use Rattle.std.specs.Prelude.{◌≡◌, ℕ, List, []}
+use Rattle.std.specs.Prelude.{◌≡◌, ℕ, Option, Some, None}
 use Rattle.std.specs.Ordering.{nat_cmp}
 use Rattle.std.specs.declared.cmp.Ord as ord
 use Rattle.std.specs.declared.cmp.PartialEq as eq
@@ -8,14 +8,13 @@ use Rattle.std.specs.declared.cmp.PartialOrd as partial
 use Rattle.std.proofs.Common.{sym, subst}
 use Rattle.stateful_base.specs.Number.{u64_format}
 use Rattle.stateful_base.specs.declared.target.Target.{Target}
+use Rattle.stateful_db.specs.Calls.{Calls}
 use Rattle.stateful_db.specs.Databases.{Databases}
 use Rattle.stateful_db.specs.Disk.{Disk, Standing}
 use Rattle.stateful_db.specs.Member.{Member, here, closed, lost, away}
 use Rattle.stateful_db.specs.Single.{single}
-use Rattle.stateful_db.specs.declared.database.DbCall.{DbCall}
 use Rattle.stateful_db.specs.declared.held.Held.{Held}
 use Rattle.stateful_db.specs.declared.held.Held.TheVariants as held
-use Rattle.stateful_db_medium.specs.declared.calls.Calls.{Calls}
 use Rattle.stateful_db_any.specs.Any as any
 use Rattle.stateful_db_any.specs.Shown.{Draft, Seal}
 use Rattle.stateful_db_any.specs.Stored as any_stored
@@ -61,28 +60,25 @@ module _ {D S U E C T M P : Type 0} where
     | held.Away ↦ 0
   ]
 
-  -- the calls that are to fail on its medium, by kind and by number
-  abbrev pub listed_by : (D → Calls) → (M → Calls) → Held D S U E C T M P → List (DbCall × ℕ)
-  listed_by of of_medium = elim [
-    | held.Here db ↦ (of db).failing.items
-    | held.Closed medium ↦ (of_medium medium).failing.items
-    | held.Lost medium ↦ (of_medium medium).failing.items
-    | held.Away ↦ []
+  -- the calls on it, unless it is away
+  abbrev pub calls_by : (D → Calls) → (M → Calls) → Held D S U E C T M P → ℕ → Option Calls
+  calls_by of of_medium d i = elim d [
+    | held.Here db ↦ Some (of db)
+    | held.Closed medium ↦ Some (of_medium medium)
+    | held.Lost medium ↦ Some (of_medium medium)
+    | held.Away ↦ None
   ]
 
--- A database is closed on a medium with this state alone, of which no call is listed as one that
--- fails.
-pub record IsBlank {S : Type 0} (initial : S) (m : Member S) (next : ℕ)
-    (listed : List (DbCall × ℕ)) : Type 0 where
+-- a database is closed on a medium with this state alone
+pub record IsBlank {S : Type 0} (initial : S) (m : Member S) (next : ℕ) : Type 0 where
   pub member_is : m ≡ empty_on initial
   pub next_is : next ≡ 1
-  pub unlisted : listed ≡ []
 
 pub blank_is_empty : {S T : Type 0} (target_of : S → T) (targeted : T → Target) (begun : S → S)
-    (initial : S) (m : Member S) (next : ℕ) (listed : List (DbCall × ℕ))
-    → IsBlank initial m next listed
+    (initial : S) (m : Member S) (next : ℕ)
+    → IsBlank initial m next
     → AreEmpty (single target_of targeted begun initial) m
-blank_is_empty target_of targeted begun initial m next listed b =
+blank_is_empty target_of targeted begun initial m next b =
     subst (λ n. AreEmpty (single target_of targeted begun initial) n) (sym b.member_is)
     (one_empty target_of targeted begun initial)
 
@@ -115,11 +111,12 @@ module _ {o : ord.Ghosts ℕ} {e : eq.Ghosts ℕ} {p : partial.Ghosts ℕ} where
   abbrev pub balances_failed : BalancesDb o e p → ℕ → ℕ
   balances_failed = failed_by any_stored.calls_here any_stored.calls_of
 
-  -- the balances are closed on an empty medium, of which no call is listed as one that fails
+  abbrev pub balances_calls : BalancesDb o e p → ℕ → Option Calls
+  balances_calls = calls_by any_stored.calls_here any_stored.calls_of
+
+  -- the balances are closed on an empty medium
   abbrev pub BalancesAreBlank : BalancesDb o e p → Type 0
-  BalancesAreBlank d =
-      IsBlank balances.initial (balances_member d) (balances_next d)
-      (listed_by any_stored.calls_here any_stored.calls_of d)
+  BalancesAreBlank d = IsBlank balances.initial (balances_member d) (balances_next d)
 
 -- what holds the amounts
 abbrev pub AmountsDb : Type 0
@@ -136,8 +133,9 @@ amounts_next = next_by keyless_stored.next_here keyless_stored.next_of
 abbrev pub amounts_failed : AmountsDb → ℕ → ℕ
 amounts_failed = failed_by keyless_stored.calls_here keyless_stored.calls_of
 
--- the amounts are closed on an empty medium, of which no call is listed as one that fails
+abbrev pub amounts_calls : AmountsDb → ℕ → Option Calls
+amounts_calls = calls_by keyless_stored.calls_here keyless_stored.calls_of
+
+-- the amounts are closed on an empty medium
 abbrev pub AmountsAreBlank : AmountsDb → Type 0
-AmountsAreBlank d =
-    IsBlank amounts.initial (amounts_member d) (amounts_next d)
-    (listed_by keyless_stored.calls_here keyless_stored.calls_of d)
+AmountsAreBlank d = IsBlank amounts.initial (amounts_member d) (amounts_next d)

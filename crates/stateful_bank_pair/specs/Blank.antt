@@ -15,7 +15,7 @@ abbrev pub PairDatabases : ord.Ghosts ℕ → eq.Ghosts ℕ → partial.Ghosts �
 PairDatabases o e p = BalancesDb o e p × AmountsDb
 
 module _ {o : ord.Ghosts ℕ} {e : eq.Ghosts ℕ} {p : partial.Ghosts ℕ} where
-  -- both are closed on empty media, of which no call is listed as one that fails
+  -- both are closed on empty media
   abbrev pub AreBlank : PairDatabases o e p → Type 0
   AreBlank d = BalancesAreBlank d.0 × AmountsAreBlank d.1
 
@@ -24,5 +24,5 @@ module _ {o : ord.Ghosts ℕ} {e : eq.Ghosts ℕ} {p : partial.Ghosts ℕ} where
       → AreEmpty (pair balances amounts) (balances_member d.0, amounts_member d.1)
   blank_are_empty d b =
       both_empty balances amounts (balances_member d.0) (amounts_member d.1) refl
-      (blank_is_empty balances.target_of (λ target. target) balances.begun balances.initial _ _ _ b.0)
-      (blank_is_empty amounts.target_of (λ target. target) amounts.begun amounts.initial _ _ _ b.1)
+      (blank_is_empty balances.target_of (λ target. target) balances.begun balances.initial _ _ b.0)
+      (blank_is_empty amounts.target_of (λ target. target) amounts.begun amounts.initial _ _ b.1)

@@ -4,7 +4,7 @@ ghost use Rattle.std.specs.Prelude.{◌≡◌};
 ghost use Rattle.stateful_bank_pair.specs.Pair.{two_targets};
 
 use stateful_bank::Op;
-use stateful_bank_app::{Fresh, World};
+use stateful_bank_app::{Failing, Fresh, World};
 use stateful_bank_logs::{balance, complete_amounts, complete_balances, set_balance};
 use stateful_base::{Height, Items, OutOfMemory, Target};
 use stateful_db::{Held, ManagedDb};
@@ -94,9 +94,10 @@ impl Fresh for Pair {
 
     ghost commits = { refl };
 
-    fn empty(alloc: Global) -> Databases {
-        let balances = Held::Closed(AnyMedium::empty(alloc, Vec::new(alloc)));
-        let amounts = Held::Closed(KeylessMedium::empty(alloc, Vec::new(alloc)));
+    fn empty(alloc: Global, failing: Failing) -> Databases {
+        let mut failing = failing;
+        let balances = Held::Closed(AnyMedium::empty(alloc, failing.take_first(alloc)));
+        let amounts = Held::Closed(KeylessMedium::empty(alloc, failing.take_first(alloc)));
         (balances, amounts)
     }
 

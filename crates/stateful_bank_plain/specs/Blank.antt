@@ -1,9 +1,9 @@
 -- The one database, wherever it is, and when it is empty.
-use Rattle.std.proofs.Common.{◌≡◌, ℕ, List, [], sym, subst}
+use Rattle.std.proofs.Common.{◌≡◌, ℕ, Option, Some, None, sym, subst}
 use Rattle.stateful_base.specs.declared.target.Target.{Target}
+use Rattle.stateful_db.specs.Calls.{Calls}
 use Rattle.stateful_db.specs.Member.{Member, here, closed, lost, away}
 use Rattle.stateful_db.specs.Single.{single}
-use Rattle.stateful_db.specs.declared.database.DbCall.{DbCall}
 use Rattle.stateful_db.specs.declared.held.Held.{Held}
 use Rattle.stateful_db.specs.declared.held.Held.TheVariants as held
 use Rattle.stateful_db_plain.specs.Stored.{standing_of, disk_of, calls_of, calls_here}
@@ -31,12 +31,14 @@ member_of = elim [
   | held.Away ↦ away
 ]
 
--- the calls that are to fail on its medium, by kind and by number
-abbrev pub listed_in : OneDatabase → List (DbCall × ℕ)
-listed_in (held.Here db) = (calls_here db).failing.items
-listed_in (held.Closed medium) = (calls_of medium).failing.items
-listed_in (held.Lost medium) = (calls_of medium).failing.items
-listed_in held.Away = []
+-- the calls on it, unless it is away
+abbrev pub calls_on : OneDatabase → ℕ → Option Calls
+calls_on d i = elim d [
+  | held.Here db ↦ Some (calls_here db)
+  | held.Closed medium ↦ Some (calls_of medium)
+  | held.Lost medium ↦ Some (calls_of medium)
+  | held.Away ↦ None
+]
 
 -- the batch id that it draws next
 abbrev pub next_of : OneDatabase → ℕ
@@ -47,11 +49,10 @@ next_of = elim [
   | held.Away ↦ 0
 ]
 
--- it is closed on an empty medium, of which no call is listed as one that fails
+-- it is closed on an empty medium
 pub record IsBlank (database : OneDatabase) : Type 0 where
   pub member_is : member_of database ≡ empty_on initial
   pub next_is : next_of database ≡ 1
-  pub unlisted : listed_in database ≡ []
 
 pub blank_is_empty : (database : OneDatabase)
     → IsBlank database

@@ -9,7 +9,7 @@ ghost use Rattle.stateful_db_plain.specs.Stored.{standing_of};
 ghost use Rattle.stateful_bank_plain.specs.Single.{one_target, HoldsEntries};
 
 use stateful_bank::Op;
-use stateful_bank_app::{Fresh, World};
+use stateful_bank_app::{Failing, Fresh, World};
 use stateful_base::{Height, Items, OutOfMemory, Target};
 use stateful_db::{Held, ManagedDb};
 use stateful_db_plain::{Plain, PlainMedium, PlainMerkleized, PlainUnmerkleized};
@@ -87,8 +87,9 @@ impl Fresh for Single {
 
     ghost commits = { refl };
 
-    fn empty(alloc: Global) -> Held<Plain> {
-        Held::Closed(PlainMedium::empty(alloc, Vec::new(alloc)))
+    fn empty(alloc: Global, failing: Failing) -> Held<Plain> {
+        let mut failing = failing;
+        Held::Closed(PlainMedium::empty(alloc, failing.take_first(alloc)))
     }
 
     fn config() {}

@@ -1,6 +1,6 @@
 //! What the commands on databases are played on.
 
-use stateful_bank_app::{Bank, BankBuild, BankRun, Drafted, Fresh, Sealed};
+use stateful_bank_app::{Bank, BankBuild, BankRun, Drafted, Failing, Fresh, Sealed};
 use stateful_bank_pair::Pair;
 use stateful_bank_plain::Single;
 use stateful_bank_triple::Triple;
@@ -54,7 +54,7 @@ pub(crate) struct Desk<W: Fresh> {
 
 /// Empty databases, which are opened.
 pub(crate) fn opened<W: Fresh>(alloc: Global) -> Desk<W> {
-    let mut databases = W::empty(alloc);
+    let mut databases = W::empty(alloc, Failing::none(alloc));
     let _ = databases.init(&W::config(), None);
     Desk {
         bank: Bank::new(alloc),

@@ -5,7 +5,7 @@ use crate::shown::{print_digest, print_target};
 use crate::words::targets;
 use hex::FromHex;
 use stateful_bank::BankBlock;
-use stateful_bank_app::{Bank, Fresh};
+use stateful_bank_app::{Bank, Failing, Fresh};
 use stateful_base::{Anchor, Digest, Digested, Height, Items, MemoryStore};
 use stateful_db::DatabaseSet;
 use stateful_shell::{Page, word};
@@ -123,7 +123,7 @@ pub(crate) fn open<W: Fresh>(desk: &mut Desk<W>, chain: &Chain, words: &[&str], 
     let processed = height(word(words, 1));
     let digest = digest(word(words, 3));
     let completed = height(word(words, 2)).map(|height| (height, digest));
-    desk.databases = W::empty(page.alloc());
+    desk.databases = W::empty(page.alloc(), Failing::none(page.alloc()));
     let opened = open_set::<Bank<W>, _>(
         &mut desk.databases,
         &W::config(),

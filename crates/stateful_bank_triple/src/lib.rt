@@ -4,6 +4,7 @@
 
 mod compact;
 mod logs;
+mod sync;
 mod triple;
 
 pub use logs::AmountLogs;

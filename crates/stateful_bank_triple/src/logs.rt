@@ -4,8 +4,10 @@
 //! generic in its databases has to show what each of them is, part by part. Of a set with a name it
 //! cites that alone.
 
-ghost use Rattle.std.specs.Prelude.{◌≡◌, ℕ, ◌^◌, ◌<◌, ◌≤◌, OnOk, OnErr, IfErr, Some};
+ghost use Rattle.std.specs.Prelude.{◌≡◌, ◌⊎◌, ℕ, ◌^◌, ◌<◌, ◌≤◌, OnOk, OnErr, IfErr, Some};
 ghost use Rattle.stateful_db.specs.Databases.{IsOpening};
+ghost use Rattle.stateful_db.specs.declared.database.DbCall.{DbCall};
+ghost use Rattle.stateful_db.specs.declared.database.InitError.{InitError};
 ghost use Rattle.stateful_base.specs.declared.target.Target.{Target};
 ghost use Rattle.stateful_base.specs.declared.target.CompactTarget.{CompactTarget};
 
@@ -38,7 +40,10 @@ pub struct AmountLogs {
 }
 
 impl DatabaseSet for AmountLogs {
+    ghost use Rattle.std.specs.Prelude.{refl};
+    ghost use Rattle.stateful_db.specs.Calls.{Counts, Goes, Passes, Fails};
     ghost use Rattle.stateful_db.specs.Member.{MemberIsSound};
+    ghost use Rattle.stateful_db.specs.Pair.{each_counts};
     ghost use Rattle.stateful_db.specs.Targeted.{compact_target};
     ghost use Rattle.stateful_db.specs.declared.held.Held.TheVariants.{Here, Closed, Lost, Away};
     ghost use Rattle.stateful_db_keyless.specs.Keyless as keyless_state;
@@ -69,6 +74,8 @@ impl DatabaseSet for AmountLogs {
 
     ghost counted = { λ s. ⟦<Both as DatabaseSet>⟧.counted s.both };
 
+    ghost calls = { λ s. ⟦<Both as DatabaseSet>⟧.calls s.both };
+
     ghost opened = { ⟦<Both as DatabaseSet>⟧.opened };
 
     ghost shows = { ⟦<Both as DatabaseSet>⟧.shows };
@@ -93,6 +100,16 @@ impl DatabaseSet for AmountLogs {
             | Away ↦ tt
           ],
     ) };
+
+    ghost counts = { λ s.
+        let first = ⟦<Held<KeylessDb<u64>> as DatabaseSet>⟧ in
+        let second = ⟦<Held<CompactDb<u64>> as DatabaseSet>⟧ in
+        each_counts (first.calls s.both.0 0) (first.counted s.both.0 0) (second.calls s.both.1)
+        (second.counted s.both.1)
+        (elim s.both.0 as (λ h. Counts (first.calls h 0) (first.counted h 0))
+        [ Here d ↦ refl | Closed m ↦ refl | Lost m ↦ refl | Away ↦ tt ])
+        (λ n. elim s.both.1 as (λ h. Counts (second.calls h n) (second.counted h n))
+        [ Here d ↦ refl | Closed m ↦ refl | Lost m ↦ refl | Away ↦ tt ]) };
 
     fn count() -> usize {
         Both::count()
@@ -129,6 +146,17 @@ impl DatabaseSet for AmountLogs {
             set.next self.new ≡ set.next self.old }
         ensures later { let set = ⟦<AmountLogs as DatabaseSet>⟧ in
             (n : ℕ) → set.counted self.old n ≤ set.counted self.new n }
+        ensures called { let set = ⟦<AmountLogs as DatabaseSet>⟧ in
+            (n : ℕ) → Goes DbCall.Init (set.calls self.old n) (set.calls self.new n) }
+        ensures passes { let set = ⟦<AmountLogs as DatabaseSet>⟧ in OnOk result (
+            set.kind.Openable (set.members self.old)
+            → (n : ℕ) → n < set.kind.count
+            → Passes DbCall.Init (set.calls self.old n) (set.calls self.new n)) }
+        ensures fails { let set = ⟦<AmountLogs as DatabaseSet>⟧ in IfErr result (λ e.
+            e.why ≡ InitError.Database
+            → set.kind.count < 2 ^ 64
+            → set.kind.Refuses (set.members self.old) expected e.index e.why
+            ⊎ Fails DbCall.Init (set.calls self.old e.index)) }
     {
         self.both.init(config, expected)
     }

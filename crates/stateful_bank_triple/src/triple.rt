@@ -7,7 +7,7 @@ ghost use Rattle.stateful_bank_triple.specs.Following.{KeepsFollowing};
 use crate::compact::complete_compact;
 use crate::logs::AmountLogs;
 use stateful_bank::Op;
-use stateful_bank_app::{Fresh, World};
+use stateful_bank_app::{Failing, Fresh, World};
 use stateful_bank_logs::{balance, complete_amounts, complete_balances, set_balance};
 use stateful_base::{CompactTarget, Height, Items, OutOfMemory, Target};
 use stateful_db::{Held, ManagedDb, Targeted};
@@ -119,10 +119,11 @@ impl Fresh for Triple {
 
     ghost commits = { refl };
 
-    fn empty(alloc: Global) -> Databases {
-        let balances = Held::Closed(AnyMedium::empty(alloc, Vec::new(alloc)));
-        let amounts = Held::Closed(KeylessMedium::empty(alloc, Vec::new(alloc)));
-        let compact = Held::Closed(CompactMedium::empty(alloc, Vec::new(alloc)));
+    fn empty(alloc: Global, failing: Failing) -> Databases {
+        let mut failing = failing;
+        let balances = Held::Closed(AnyMedium::empty(alloc, failing.take_first(alloc)));
+        let amounts = Held::Closed(KeylessMedium::empty(alloc, failing.take_first(alloc)));
+        let compact = Held::Closed(CompactMedium::empty(alloc, failing.take_first(alloc)));
         let logs = AmountLogs {
             both: (amounts, compact),
         };

@@ -1,5 +1,5 @@
 -- The grounds of plays over one database of balances.
-use Rattle.std.specs.Prelude.{ℕ}
+use Rattle.std.specs.Prelude.{ℕ, []}
 use Rattle.stateful_base.specs.declared.target.Target.{Target}
 use Rattle.stateful_db.specs.Single.{single}
 use Rattle.stateful_db.specs.declared.held.Held.TheVariants as held
@@ -8,8 +8,9 @@ use Rattle.stateful_db_plain.specs.Stored.{calls_of, calls_here}
 use Rattle.stateful_db_plain.specs.Whole.{Whole, begun, initial, target_of}
 use Rattle.stateful_db_plain.specs.declared.batch.PlainMerkleized.{PlainMerkleized}
 use Rattle.stateful_db_plain.specs.declared.batch.PlainUnmerkleized.{PlainUnmerkleized}
+use Rattle.stateful_bank_app.specs.Fresh.{AreUncalled}
 use Rattle.stateful_bank_plain.specs.Single.{single_rules, HoldsEntries}
-use Rattle.stateful_bank_plain.specs.Blank.{OneDatabase, member_of, next_of, IsBlank}
+use Rattle.stateful_bank_plain.specs.Blank.{OneDatabase, member_of, next_of, calls_on, IsBlank}
 use Rattle.stateful_play_world.specs.Grounds.{Grounds}
 
 -- how often the database has failed
@@ -33,5 +34,5 @@ plain = record {
   members = member_of;
   next = next_of;
   counted = failed_of;
-  Blank = IsBlank;
+  Blank = λ d. IsBlank d × AreUncalled 1 (calls_on d) [];
 }

@@ -1,6 +1,6 @@
 -- The grounds of plays over the triple: balances, then the amounts of operations, and then the same
 -- amounts in a compact database.
-use Rattle.std.specs.Prelude.{ℕ, map}
+use Rattle.std.specs.Prelude.{ℕ, [], map}
 use Rattle.std.specs.Ordering.{nat_cmp}
 use Rattle.std.specs.declared.cmp.Ord as ord
 use Rattle.std.specs.declared.cmp.PartialEq as eq
@@ -16,10 +16,13 @@ use Rattle.stateful_db_compact.specs.declared.compact.batch.KeylessUnjournaledMe
 use Rattle.stateful_db_compact.specs.declared.compact.batch.KeylessUnjournaledUnmerkleized.{KeylessUnjournaledUnmerkleized}
 use Rattle.stateful_db_keyless.specs.declared.keyless.batch.KeylessMerkleized.{KeylessMerkleized}
 use Rattle.stateful_db_keyless.specs.declared.keyless.batch.KeylessUnmerkleized.{KeylessUnmerkleized}
+use Rattle.stateful_bank_app.specs.Fresh.{AreUncalled}
 use Rattle.stateful_bank_logs.specs.Kept.{balances, balances_member, balances_next, balances_failed}
 use Rattle.stateful_bank_logs.specs.Kept.{amounts, amounts_member, amounts_next, amounts_failed}
+use Rattle.stateful_bank_logs.specs.Kept.{balances_calls, amounts_calls}
 use Rattle.stateful_bank_triple.specs.Blank.{TripleDatabases, AreBlank}
 use Rattle.stateful_bank_triple.specs.Blank.{latest_member, latest_next, latest_failed}
+use Rattle.stateful_bank_triple.specs.Blank.{latest_calls}
 use Rattle.stateful_bank_triple.specs.Logs.{latest}
 use Rattle.stateful_bank_triple.specs.Triple.{States, Targets, triple_rules, HoldsTriple}
 use Rattle.stateful_play_world.specs.Grounds.{Grounds}
@@ -45,5 +48,9 @@ module _ {o : ord.Ghosts ℕ} {e : eq.Ghosts ℕ} {p : partial.Ghosts ℕ} where
     counted = λ d.
         by_number (balances_failed d.0 0)
         (by_number (amounts_failed d.1.both.0 0) (latest_failed d.1.both.1));
-    Blank = AreBlank;
+    Blank = λ d.
+        AreBlank d
+        × AreUncalled 3
+        (by_number (balances_calls d.0 0)
+        (by_number (amounts_calls d.1.both.0 0) (latest_calls d.1.both.1))) [];
   }

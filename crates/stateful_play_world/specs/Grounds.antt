@@ -30,7 +30,7 @@ pub record Grounds (Drafts Sealed Sets : Type 0) : Type 1 where
   pub members : Sets → kind.Members
   pub next : Sets → Ids
   pub counted : Sets → ℕ → ℕ
-  -- the databases are closed on empty media, of which no call is listed as one that fails
+  -- the databases are closed on empty media, on which no call was made and none is to fail
   pub Blank : Sets → Type 0
 
 module _ {Drafts Sealed Sets : Type 0} (g : Grounds Drafts Sealed Sets) where

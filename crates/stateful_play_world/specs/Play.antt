@@ -34,7 +34,7 @@ use Rattle.stateful_play_world.specs.Driven as driven
 
 module _ {Drafts Sealed Sets : Type 0} (g : Grounds Drafts Sealed Sets) where
   -- where a play begins: the machine has taken nothing in, and the databases are closed on empty
-  -- media, of which no call is listed as one that fails
+  -- media, on which no call was made and none is to fail
   pub record IsFirst (first : Moment (bank g)) : Type 0 where
     pub register : Register
     pub new : IsNew (bank g) false register first

@@ -11,6 +11,9 @@ pub trait Grounded: Fresh {
 }
 
 impl<W: Fresh> Grounded for W {
+    ghost use Rattle.std.specs.Prelude.{[]};
+    ghost use Rattle.stateful_bank_app.specs.Fresh.{AreUncalled};
+
     ghost grounds = { record {
       Ids = W.Databases.Ids;
       States = W.Databases.States;
@@ -22,6 +25,6 @@ impl<W: Fresh> Grounded for W {
       members = W.Databases.members;
       next = W.Databases.next;
       counted = W.Databases.counted;
-      Blank = W.blank;
+      Blank = λ d. W.blank d × AreUncalled W.Databases.kind.count (W.Databases.calls d) [];
     } };
 }

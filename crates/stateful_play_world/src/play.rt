@@ -14,7 +14,7 @@ use crate::driving::drive_all;
 use crate::grounds::Grounded;
 use stateful_actor::{Config, DatabaseSet, Halted, NewError, Stateful};
 use stateful_bank::{Ask, BankBlock};
-use stateful_bank_app::{Bank, Fresh};
+use stateful_bank_app::{Bank, Failing, Fresh};
 use stateful_base::{OutOfMemory, Round};
 use stateful_history::Entry;
 use stateful_script::Script;
@@ -67,7 +67,13 @@ pub fn play_in<W: Fresh>(alloc: Global, script: &Script) -> Result<PlayedIn<W>, 
     let mut store = store_of(alloc, planned.as_slice(), script.events.as_slice())?;
     let events = events(alloc, planned.as_slice(), script.events.as_slice())?;
     let stateful = new_machine::<W>(alloc)?;
-    let (driven, end) = drive_all(alloc, stateful, W::empty(alloc), &mut store, events)?;
+    let (driven, end) = drive_all(
+        alloc,
+        stateful,
+        W::empty(alloc, Failing::none(alloc)),
+        &mut store,
+        events,
+    )?;
     Ok(PlayedIn {
         labels,
         history: driven.history,

@@ -6,7 +6,7 @@ ghost use Rattle.stateful_script_plan.specs.Plan.{targets_after};
 ghost use Rattle.stateful_script_plan.specs.Scratch.{IsScratch, Begins, Keeps};
 
 use stateful_bank::Op;
-use stateful_bank_app::{Drafted, Fresh, Sealed, World, seal_block};
+use stateful_bank_app::{Drafted, Failing, Fresh, Sealed, World, seal_block};
 use stateful_base::{Height, Items, OutOfMemory, Target};
 use stateful_db::DatabaseSet;
 use std::alloc::Global;
@@ -28,7 +28,7 @@ pub(crate) fn scratch<W: Fresh>(alloc: Global) -> Result<W::Databases, OutOfMemo
         × IsScratch W.Databases.kind (W.Databases.next databases) (W.Databases.members databases)
         at) }
 {
-    let mut databases = W::empty(alloc);
+    let mut databases = W::empty(alloc, Failing::none(alloc));
     let initial = W::Databases::initial_sync_targets();
     match databases.init(&W::config(), Some(initial)) {
         Ok(()) => Ok(databases),
