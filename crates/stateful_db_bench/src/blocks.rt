@@ -18,8 +18,13 @@ fn key_of(number: u64, entries: u64) -> u64 {
     (number.wrapping_mul(STRIDE) >> 32).wrapping_mul(entries) >> 32
 }
 
+/// The value of a write, among those of the block of this number.
+fn value_of(number: u64, write: u64) -> u64 {
+    number.wrapping_mul(WRITES).wrapping_add(write)
+}
+
 /// An empty database that is open. No token is out.
-fn open<S: NumberSet>(alloc: Global) -> Result<S, Error>
+pub(crate) fn open<S: NumberSet>(alloc: Global) -> Result<S, Error>
     ensures { IfOk result (λ set. S.kind.tokens (S.members set) 0 ≡ []) }
 {
     let mut set = S::empty(alloc);
@@ -28,7 +33,7 @@ fn open<S: NumberSet>(alloc: Global) -> Result<S, Error>
 }
 
 /// A batch that puts 0 at each of so many keys, sealed.
-fn fill<S: NumberSet>(set: &mut S, entries: u64) -> Result<S::Merkleized, Error>
+pub(crate) fn fill<S: NumberSet>(set: &mut S, entries: u64) -> Result<S::Merkleized, Error>
     ensures { S.members set.new ≡ S.members set.old }
 {
     let mut batch = set.new_batches()?;
@@ -36,6 +41,37 @@ fn fill<S: NumberSet>(set: &mut S, entries: u64) -> Result<S::Merkleized, Error>
         batch = S::put(batch, key, 0)?;
     }
     Ok(set.seal(batch)?)
+}
+
+/// How many of the keys that the block of this number writes have a value in a batch.
+pub(crate) fn read_each<S: NumberSet>(
+    set: &S,
+    batch: &S::Unmerkleized,
+    entries: u64,
+    number: u64,
+) -> Result<u64, Error> {
+    let mut found: u64 = 0;
+    for write in 0..WRITES {
+        let value = set.get(batch, key_of(value_of(number, write), entries))?;
+        if value.is_some() {
+            found = found.saturating_add(1);
+        }
+    }
+    Ok(found)
+}
+
+/// The batch with the writes of the block of this number.
+pub(crate) fn write_each<S: NumberSet>(
+    batch: S::Unmerkleized,
+    entries: u64,
+    number: u64,
+) -> Result<S::Unmerkleized, Error> {
+    let mut batch = batch;
+    for write in 0..WRITES {
+        let value = value_of(number, write);
+        batch = S::put(batch, key_of(value, entries), value)?;
+    }
+    Ok(batch)
 }
 
 /// The block of this number on its parent, sealed.
@@ -47,16 +83,17 @@ fn child<S: NumberSet>(
 ) -> Result<S::Merkleized, Error>
     ensures { S.members set.new ≡ S.members set.old }
 {
-    let mut batch = set.fork_batches(parent)?;
-    for write in 0..WRITES {
-        let value = number.wrapping_mul(WRITES).wrapping_add(write);
-        batch = S::put(batch, key_of(value, entries), value)?;
-    }
+    let batch = set.fork_batches(parent)?;
+    let batch = write_each::<S>(batch, entries, number)?;
     Ok(set.seal(batch)?)
 }
 
 /// Applies a sealed batch on the state as it is, and makes it durable.
-fn finalize<S: NumberSet>(alloc: Global, set: &mut S, batch: S::Merkleized) -> Result<(), Error>
+pub(crate) fn finalize<S: NumberSet>(
+    alloc: Global,
+    set: &mut S,
+    batch: S::Merkleized,
+) -> Result<(), Error>
     requires { S.kind.tokens (S.members set.old) 0 ≡ [] }
     ensures { OnOk result (S.kind.tokens (S.members set.new) 0 ≡ []) }
 {
