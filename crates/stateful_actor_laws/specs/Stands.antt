@@ -7,6 +7,7 @@ use Rattle.stateful_history.specs.Stops.{NothingLive}
 use Rattle.stateful_exec_model.specs.Workings.{Workings}
 use Rattle.stateful_actor_register.specs.Register.{RegisterStands}
 use Rattle.stateful_actor_register.specs.declared.register.Register.{Register}
+use Rattle.stateful_loop_laws.specs.Open.{is_open}
 use Rattle.stateful_loop_laws.specs.Down.{IsCounted}
 use Rattle.stateful_loop_laws.specs.Reasons.{IsTrusted, ReasonsStand}
 use Rattle.stateful_loop_laws.specs.Places.{PastKept, PlacesKept}
@@ -27,13 +28,14 @@ module _ {B C I P R D H G U : Type 0} (w : Workings B C I P R D H G U) (p : Past
 
 module _ {B C I P R D H G U : Type 0} (w : Workings B C I P R D H G U)
     (stored : ℕ → Option (Named B)) (base : w.States) (p : Past B C I) where
-  -- The machine is up where the past says so: then it stands for it, nothing can go on without
-  -- another event, and all that is live is in hand, and goes on; and where the world is trusted,
+  -- The machine is up where the databases are open, and else it is down, since it doesn't sync.
+  -- Where it is up it stands for the past, nothing can go on without another event, and all that is live is in hand, and goes on; and where the world is trusted,
   -- what is kept for reasons of false verdicts and declines is kept. Where it is down nothing is
   -- live. What is kept for marks to be in their places is kept.
   pub record StandsAt (m : Moment w) : Type 0 where
     pub restart : CanRestartAt w p m
-    pub up_is : m.loop.up ≡ not (is_down p)
+    pub up_is : m.loop.up ≡ is_open p
+    pub open_is : is_open p ≡ not (is_down p)
     pub up : m.loop.up ≡ true → IsUpAt w stored base p m × Quiet w m
     pub reasons : m.loop.up ≡ true → IsTrusted w stored p → ReasonsStand w stored p base m
     pub hands : m.loop.up ≡ true → AllInHand w p m × GoesOnAt w stored base p m

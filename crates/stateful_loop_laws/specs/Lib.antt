@@ -19,3 +19,4 @@ pub mod Reasons
 pub mod HandsBehind
 pub mod Duly
 pub mod Media
+pub mod Open

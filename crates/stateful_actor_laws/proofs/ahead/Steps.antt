@@ -135,7 +135,7 @@ module _ {B C I P R D H G U : Type 0} (w : Workings B C I P R D H G U) (laws : L
       (adv : Advances w stored_now provider counts event m settled) (still : settled.loop.up ≡ true)
       (names : TrueNames (setting w stored) (after_entry p event settled.marks)) where
     up : m.loop.up ≡ true
-    up = s.up_is ∙ ap (λ b. not b) (may_come-up (numbered w.kind.count) p event on may)
+    up = s.up_is ∙ s.open_is ∙ ap (λ b. not b) (may_come-up (numbered w.kind.count) p event on may)
 
     marks_are : settled.marks ≡ m.marks ++ settled.marks
     marks_are = ap (λ (ms : List (Mark B)). ms ++ settled.marks) (sym s.restart.unmarked)
@@ -212,7 +212,7 @@ module _ {B C I P R D H G U : Type 0} (w : Workings B C I P R D H G U) (laws : L
           let based : b.base_behind ≡ base = b.base_is ∙ sym (base-same base now.marks (w.kind.point now.members) none) in
           let lawful = since_came base event on
           (since_before base (Came event ∷ p) now.marks (subst (λ (x : w.States). Lawfully x (after_entry p event now.marks)) based since)) in
-          let was_up = s.up_is ∙ ap (λ x. not x) (may_come-up (numbered w.kind.count) p event on may) in
+          let was_up = s.up_is ∙ s.open_is ∙ ap (λ x. not x) (may_come-up (numbered w.kind.count) p event on may) in
           let there = ahead-goes_on event on may stores m played.settled s played.advances still settled_names (a was_up lawful.1) lawful.0 in
           subst (λ (x : w.States). IsAhead w stored x (after_entry p event now.marks) now) (sym based)
           (subst (λ (n : Moment w). IsAhead w stored base (after_entry p event n.marks) n) (sym same) there)

@@ -60,7 +60,7 @@ module _ {B C I P R D H G U : Type 0} (w : Workings B C I P R D H G U) (laws : L
     settled = played.settled
 
     up : m.loop.up ≡ true
-    up = s.up_is ∙ ap (λ b. not b) (may_come-up (numbered w.kind.count) p event on may_come_is)
+    up = s.up_is ∙ s.open_is ∙ ap (λ b. not b) (may_come-up (numbered w.kind.count) p event on may_come_is)
 
     marks_are : settled.marks ≡ m.marks ++ settled.marks
     marks_are = ap (λ (ms : List (Mark B)). ms ++ settled.marks) (sym s.restart.unmarked)

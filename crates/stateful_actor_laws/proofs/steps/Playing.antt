@@ -29,6 +29,7 @@ use Rattle.stateful_exec_laws.specs.Building.{BuildsTakeTurns}
 use Rattle.stateful_exec_laws.specs.Fronting.{RunsTakeTurns}
 use Rattle.stateful_exec_laws.specs.Setting.{setting}
 use Rattle.stateful_exec_laws.specs.Storing.{IsStoredNow}
+use Rattle.stateful_loop_laws.specs.Open.{is_open}
 use Rattle.stateful_loop_laws.specs.Down.{IsEnding}
 use Rattle.stateful_loop_laws.specs.EventBehind.{EventBehind, StoppedBehind}
 use Rattle.stateful_loop_laws.specs.Duly.{AreAmong, IsDulySaid, DulyBehind}
@@ -48,7 +49,7 @@ use Rattle.stateful_loop_laws.proofs.reasons.Up.{reasons-up}
 use Rattle.stateful_loop_laws.proofs.places.Along.{places-up}
 use Rattle.stateful_loop_laws.proofs.places.Past.{past-kept}
 use Rattle.stateful_loop_laws.proofs.events.Restarting.{pruned-ends}
-use Rattle.stateful_loop_laws.proofs.events.RuleItems.{is_down-after, pruned_below-after, opens-none}
+use Rattle.stateful_loop_laws.proofs.events.RuleItems.{is_down-after, is_open-after, pruned_below-after, opens-none}
 use Rattle.stateful_loop_laws.proofs.events.TakenIn.{may_come-live}
 use Rattle.stateful_loop_laws.proofs.events.Trusted.{IsTrusted-before, IsTrusted-before_marks}
 use Rattle.stateful_loop_laws.proofs.earned.VerifiedApart.{VerifiedApart-came}
@@ -66,7 +67,7 @@ use Rattle.stateful_actor_laws.proofs.steps.ReasonsEnd.{HasItsReason-ends}
 use Rattle.stateful_actor_laws.proofs.steps.StartRules.{IsCommittedTo-rules, IsCommittedTo-ends, PrunedIsDue-rules, PrunedIsDue-ends, PrunedIsDue-stopped, EndsStopped-unbroken, BrokeBefore-after, StartsClean-rules, StartsClean-ends, StopsClean-rules, StopsClean-ends, OpenedIsStored-rules, OpenedIsStored-ends, OpenedIsStored-stopped}
 use Rattle.stateful_actor_laws.proofs.work.SharedRuns.{shared-stopped, shared-advances}
 use Rattle.stateful_actor_laws.proofs.work.StaysUp.{Broke, along-stays, takes_in-stays}
-use Rattle.stateful_actor_laws.proofs.steps.Stepping.{may_come-up, is_down-came, base-same, StepBehind-of}
+use Rattle.stateful_actor_laws.proofs.steps.Stepping.{may_come-up, is_down-came, is_open-came, base-same, StepBehind-of}
 use Rattle.stateful_actor_laws.proofs.work.Unbroken.{IsUnbroken, UnbrokenBehind, taken_in_unbroken, along_unbroken}
 use Rattle.stateful_actor_laws.proofs.work.Ends.{IsWorkEnd, EndsAll-ends, IsWorkEnd-ending, opens-ending, opens-neither}
 use Rattle.stateful_actor_laws.proofs.work.Duly.{work-duly, work-unbuilt}
@@ -86,7 +87,7 @@ module _ {B C I P R D H G U : Type 0} (w : Workings B C I P R D H G U) (laws : L
   was_up = may_come-up (numbered w.kind.count) p event on may_come_is
 
   up : m.loop.up ≡ true
-  up = s.up_is ∙ ap (λ b. not b) was_up
+  up = s.up_is ∙ s.open_is ∙ ap (λ b. not b) was_up
 
   marks_are : settled.marks ≡ m.marks ++ settled.marks
   marks_are = ap (λ (ms : List (Mark B)). ms ++ settled.marks) (sym s.restart.unmarked)
@@ -176,6 +177,8 @@ module _ {B C I P R D H G U : Type 0} (w : Workings B C I P R D H G U) (laws : L
       subst (λ (ms : List (Mark B)). PlacesKept w stored (after q ms) settled) same l.kept in
       let none_opens : opens b.more ≡ false = opens-none b.more b.of_rules in
       let down_is : is_down (after q b.more) ≡ false = is_down-after q b.more b.of_rules ∙ is_down-came p event on ∙ was_up in
+      let open_there : is_open (after q b.more) ≡ true =
+      is_open-after q b.more b.of_rules ∙ is_open-came p event on ∙ s.open_is ∙ ap (λ d. not d) was_up in
       let first : UnbrokenBehind w m a.taken = taken_in_unbroken w stored_now counts m a.taken event a.takes in
       let then : UnbrokenBehind w a.taken settled = along_unbroken w stored_now provider a.taken settled a.settles.along still in
       let both : settled.marks ≡ m.marks ++ (first.more ++ then.more) =
@@ -206,7 +209,8 @@ module _ {B C I P R D H G U : Type 0} (w : Workings B C I P R D H G U) (laws : L
         ends_stopped = EndsStopped-unbroken event b.more no_stop unbroken;
         holds = b.holds;
         pruned = pruned_below-after q b.more b.of_rules;
-        up_is = still ∙ ap (λ d. not d) (sym down_is);
+        up_is = still ∙ sym open_there;
+        open_is = open_there ∙ ap (λ d. not d) (sym down_is);
         counted = b.counted;
         up = λ up. (b.up up, a.settles.quiet);
         reasons_stand = λ up trust. (reasons_of b.more b (reasons_behind b.more names_there b trust)).1;
@@ -268,6 +272,9 @@ module _ {B C I P R D H G U : Type 0} (w : Workings B C I P R D H G U) (laws : L
 
     is_over : is_down (after q down.more) ≡ true
     is_over = ap (λ (ms : List (Mark B)). is_down (after q ms)) down_are ∙ ap (λ (r : Past B C I). is_down r) past_is
+
+    is_closed : is_open (after q down.more) ≡ false
+    is_closed = ap (λ (ms : List (Mark B)). is_open (after q ms)) down_are ∙ ap (λ (r : Past B C I). is_open r) past_is
 
     none_opens : opens down.more ≡ false
     none_opens = ap (λ (ms : List (Mark B)). opens ms) down_are_both
@@ -364,7 +371,8 @@ module _ {B C I P R D H G U : Type 0} (w : Workings B C I P R D H G U) (laws : L
       ends_stopped = λ cause. (b.more ++ over, down_are_both ∙ sym (append_assoc b.more over (Stopped ∷ [])));
       holds = down.holds;
       pruned = none_prunes;
-      up_is = down.down.empty.up ∙ ap (λ d. not d) (sym is_over);
+      up_is = down.down.empty.up ∙ sym is_closed;
+      open_is = is_closed ∙ ap (λ d. not d) (sym is_over);
       counted = down.down.counted;
       up = λ up. absurd (true≢false (sym up ∙ down.down.empty.up));
       reasons_stand = λ up trust. absurd (true≢false (sym up ∙ down.down.empty.up));

@@ -26,6 +26,7 @@ use Rattle.stateful_actor_register.specs.Register.{RegisterStands}
 use Rattle.stateful_actor_register.specs.declared.register.Register.{Register}
 use Rattle.stateful_exec_laws.specs.Setting.{setting}
 use Rattle.stateful_exec_laws.specs.Storing.{IsStoredNow}
+use Rattle.stateful_loop_laws.specs.Open.{is_open}
 use Rattle.stateful_loop_laws.specs.Down.{IsEnding, IsEmpty}
 use Rattle.stateful_loop_laws.specs.Duly.{IsDulySaid}
 use Rattle.stateful_loop_laws.specs.EventBehind.{RestartedBehind}
@@ -107,6 +108,9 @@ module _ {B C I P R D H G U : Type 0} (w : Workings B C I P R D H G U) (laws : L
     down_is : is_down (after q b.more) ≡ false
     down_is = ap (λ (r : Past B C I). is_down r) past_is ∙ is_down-ends q over ends_work
 
+    open_there : is_open (after q b.more) ≡ true
+    open_there = ap (λ (r : Past B C I). is_open r) past_is
+
     none_prunes : pruned_below (after q b.more) ≡ pruned_below p
     none_prunes = ap (λ (r : Past B C I). pruned_below r) past_is ∙ pruned-ends q over ending
 
@@ -167,7 +171,8 @@ module _ {B C I P R D H G U : Type 0} (w : Workings B C I P R D H G U) (laws : L
       ends_stopped = subst (λ (ms : List (Mark B)). EndsStopped event ms) (sym all_are) (EndsStopped-restart floor keep over anchor ends_work);
       holds = b.holds;
       pruned = none_prunes;
-      up_is = b.up ∙ ap (λ d. not d) (sym down_is);
+      up_is = b.up ∙ sym open_there;
+      open_is = open_there ∙ ap (λ d. not d) (sym down_is);
       counted = IsCounted-up w stored o.opening.at.1 (after q b.more) now b.stands;
       up = λ up. (b.stands, opens-quiet w stored_now floor keep mid now empty o);
       reasons_stand = λ up trust. reasons_stand-opens w laws stored o.opening.at.1 (after q b.more) stored_now floor keep mid now cleared.queue

@@ -20,6 +20,7 @@ use Rattle.stateful_history.specs.declared.mark.Mark.{Mark}
 use Rattle.stateful_exec_model.specs.Workings.{Workings}
 use Rattle.stateful_exec_laws.specs.Setting.{setting}
 use Rattle.stateful_exec_laws.specs.Storing.{IsStoredNow}
+use Rattle.stateful_loop_laws.specs.Open.{is_open}
 use Rattle.stateful_loop_laws.specs.Down.{IsEmpty, IsCounted}
 use Rattle.stateful_loop_laws.specs.Duly.{IsDulySaid}
 use Rattle.stateful_loop_laws.specs.Durability.{IsDurablySaid}
@@ -56,6 +57,10 @@ module _ {B C I : Type 0} where
   is_down-came p (Restart floor keep) on = absurd (on tt)
   is_down-came p e on = refl
 
+  pub is_open-came : (p : Past B C I) (e : Event B C I) → (IsRestart e → ⊥) → is_open (Came e ∷ p) ≡ is_open p
+  is_open-came p (Restart floor keep) on = absurd (on tt)
+  is_open-came p e on = refl
+
 -- the base of a history stays where no mark opens
 pub base-same : {B X S : Type 0} (base : S) (marks : List (Mark B)) (point : Option (X × S)) → opens marks ≡ false
     → base ≡ base_after base marks point
@@ -91,7 +96,8 @@ module _ {B C I P R D H G U : Type 0} (w : Workings B C I P R D H G U) (stored :
       pub ends_stopped : EndsStopped event marks
       pub holds : Holds (setting w stored) w.kind next (after_entry p event marks) now.members
       pub pruned : pruned_below (after_entry p event marks) ≡ pruned_below p
-      pub up_is : now.loop.up ≡ not (is_down (after_entry p event marks))
+      pub up_is : now.loop.up ≡ is_open (after_entry p event marks)
+      pub open_is : is_open (after_entry p event marks) ≡ not (is_down (after_entry p event marks))
       pub counted : IsCounted w (after_entry p event marks) now
       pub up : now.loop.up ≡ true → IsUpAt w stored next (after_entry p event marks) now × Quiet w now
       pub reasons_stand : now.loop.up ≡ true → IsTrusted w stored (after_entry p event marks)
@@ -117,6 +123,7 @@ module _ {B C I P R D H G U : Type 0} (w : Workings B C I P R D H G U) (stored :
   stands_of next k = record {
     restart = record { unmarked = refl; counted = IsCounted-marks w now [] (after q now.marks) k.counted; apart = k.apart };
     up_is = k.up_is;
+    open_is = k.open_is;
     up = λ up. (IsUpAt-marks w now [] stored next (after q now.marks) (k.up up).0, Quiet-marks w now [] (k.up up).1);
     reasons = λ up trust. let r = k.reasons_stand up trust in
         record { queue = r.queue; actions = r.actions; gatherings = r.gatherings; reaches = r.reaches };

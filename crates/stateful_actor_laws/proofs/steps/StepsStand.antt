@@ -43,6 +43,7 @@ module _ {B C I P R D H G U : Type 0} (w : Workings B C I P R D H G U) (stored :
       apart = VerifiedApart-none;
     };
     up_is = new.down;
+    open_is = refl;
     up = λ up. absurd (true≢false (sym up ∙ new.down));
     reasons = λ up trust. absurd (true≢false (sym up ∙ new.down));
     hands = λ up. absurd (true≢false (sym up ∙ new.down));

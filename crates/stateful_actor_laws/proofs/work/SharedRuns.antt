@@ -76,5 +76,5 @@ module _ {B C I P R D H G U : Type 0} (w : Workings B C I P R D H G U) (laws : L
       stores a.takes a.settles.along
     where
       up : m.loop.up ≡ true
-      up = s.up_is ∙ ap (λ b. not b) (may_come-up (numbered w.kind.count) p (Cancel t) (λ no. no) may)
+      up = s.up_is ∙ s.open_is ∙ ap (λ b. not b) (may_come-up (numbered w.kind.count) p (Cancel t) (λ no. no) may)
   shared-advances event m settled s may a names stores duly = by_other event (λ no. no) base settled.marks duly

@@ -1,4 +1,4 @@
--- What marks of rules leave of a past: whether the machine is down, the opening, what was pruned, and with it what the store has.
+-- What marks of rules leave of a past: whether the machine is down or open, the opening, what was pruned, and with it what the store has.
 use Rattle.std.proofs.Common.{◌≡◌, ◌∷◌, [], ℕ, false, List, All, Option, refl, ◌∙◌}
 use Rattle.std.proofs.lemmas.List.Elements.{All-head, All-tail}
 use Rattle.stateful_base.specs.Names.{Named}
@@ -8,12 +8,19 @@ use Rattle.stateful_history.specs.Past.{Past, Made, after}
 use Rattle.stateful_history.specs.declared.mark.Mark.{Mark}
 use Rattle.stateful_history.specs.declared.mark.Mark.TheVariants.{Opened, Converged, Pruned, Stopped}
 use Rattle.stateful_exec_laws.specs.Storing.{IsStoredNow}
+use Rattle.stateful_loop_laws.specs.Open.{is_open}
 use Rattle.stateful_loop_laws.specs.RuleMarks.{IsOfRule}
 
 module _ {B C I : Type 0} where
   down_one : (p : Past B C I) (mark : Mark B) → IsOfRule mark → is_down (Made mark ∷ p) ≡ is_down p
   down_one p Stopped h = absurd h
   down_one p mark h = refl
+
+  open_one : (p : Past B C I) (mark : Mark B) → IsOfRule mark → is_open (Made mark ∷ p) ≡ is_open p
+  open_one p (Opened anchor) h = absurd h
+  open_one p (Converged anchor) h = absurd h
+  open_one p Stopped h = absurd h
+  open_one p mark h = refl
 
   opening_one : (p : Past B C I) (mark : Mark B) → IsOfRule mark → opening (Made mark ∷ p) ≡ opening p
   opening_one p (Opened anchor) h = absurd h
@@ -28,6 +35,11 @@ module _ {B C I : Type 0} where
   is_down-after p [] each = refl
   is_down-after p (mark ∷ marks) each =
       is_down-after (Made mark ∷ p) marks (All-tail IsOfRule mark marks each) ∙ down_one p mark (All-head IsOfRule mark marks each)
+
+  pub is_open-after : (p : Past B C I) (marks : List (Mark B)) → All IsOfRule marks → is_open (after p marks) ≡ is_open p
+  is_open-after p [] each = refl
+  is_open-after p (mark ∷ marks) each =
+      is_open-after (Made mark ∷ p) marks (All-tail IsOfRule mark marks each) ∙ open_one p mark (All-head IsOfRule mark marks each)
 
   pub opening-after : (p : Past B C I) (marks : List (Mark B)) → All IsOfRule marks → opening (after p marks) ≡ opening p
   opening-after p [] each = refl
