@@ -1,5 +1,5 @@
 -- Histories of steps, an entry longer.
-use Rattle.std.proofs.Common.{◌≡◌, ◌++◌, ℕ, true, List, [], ◌∷◌, map, Option, refl, sym, ◌∙◌, ap, subst}
+use Rattle.std.proofs.Common.{◌≡◌, ◌<◌, ◌++◌, ℕ, true, List, [], ◌∷◌, map, take, length, arith, Option, refl, sym, ◌∙◌, ap, subst}
 use Rattle.stateful_base.specs.Names.{Named}
 use Rattle.stateful_history.specs.Live.{may_come}
 use Rattle.stateful_history.specs.Past.{Past, after_entry, after_all}
@@ -79,3 +79,20 @@ pub longer-past : {B C I : Type 0} (history longer : List (Entry B C I)) (event 
     → after_all [] longer ≡ after_entry (after_all [] history) event marks
 longer-past {B} {C} {I} history longer event marks is =
     ap (λ (h : List (Entry B C I)). after_all [] h) is ∙ after_all-push [] history (record { event = event; marks = marks })
+
+-- and these are the first ones, and not all
+pub taken_before : {X Y : Type 0} (history : List X) (f : X → Y) (x : Y) (rest all : List Y) → all ≡ map f history ++ x ∷ rest
+    → map f history ≡ take (length history) all
+taken_before {X} {Y} history f x rest all is = go history ∙ ap (λ (l : List Y). take (length history) l) (sym is)
+  where
+    go : (l : List X) → map f l ≡ take (length l) (map f l ++ x ∷ rest)
+    go [] = refl
+    go (y ∷ l) = ap (λ (r : List Y). f y ∷ r) (go l)
+
+pub within_events : {X Y : Type 0} (history : List X) (f : X → Y) (x : Y) (rest all : List Y) → all ≡ map f history ++ x ∷ rest
+    → length history < length all
+within_events {X} {Y} history f x rest all is = subst (λ (l : List Y). length history < length l) (sym is) (go history)
+  where
+    go : (l : List X) → length l < length (map f l ++ x ∷ rest)
+    go [] = omega (arith)
+    go (y ∷ l) = let n = go l in omega (arith)

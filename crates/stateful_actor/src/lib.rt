@@ -9,7 +9,7 @@ mod law;
 pub use driving::{Driven, Halt, Halted, drive};
 pub use law::forks_are_as_deep_as_their_paths;
 pub use stateful_actor_mailbox::{Reply, Stopped};
-pub use stateful_actor_step::{Config, NewError, Stateful};
+pub use stateful_actor_step::{Config, NewError, Readable, Stateful};
 pub use stateful_base::{
     Ancestry, Block, BlockStore, Digest, Digested, Faulty, Finality, Height, MemoryStore, Moved,
     OutOfMemory, Round, Rounded, Target,

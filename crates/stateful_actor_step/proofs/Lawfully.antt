@@ -71,7 +71,7 @@ module _ {B C I P R D H G U : Type 0} (w : Workings B C I P R D H G U) (laws : L
   on = isnt_restart event other
 
   up : m.loop.up ≡ true
-  up = s.up_is ∙ ap (λ x. not x) (may_come-up (numbered w.kind.count) p event on lawful.lawful.may_come)
+  up = s.up_is ∙ s.open_is ∙ ap (λ x. not x) (may_come-up (numbered w.kind.count) p event on lawful.lawful.may_come)
 
   h : IsUpAt w stored base p m
   h = (s.up up).0
@@ -111,7 +111,7 @@ module _ {B C I P R D H G U : Type 0} (w : Workings B C I P R D H G U) (laws : L
       outside_memory start.databases last.databases e is
   cause-outside register registered start last new e (failed_before is failed none) = absurd (true≢false (sym failed))
   cause-outside register registered start last new e (unlawful is never) =
-      absurd (true≢false (sym lawful.lawful.may_come ∙ never p registered s.up_is))
+      absurd (true≢false (sym lawful.lawful.may_come ∙ never p registered (s.up_is ∙ s.open_is)))
   cause-outside register registered start last new e (fault may f) = step_outside event refl other start last new e f
 
 module _ {B C I P R D H G U : Type 0} (w : Workings B C I P R D H G U) (laws : Laws w.kind) (stored : ℕ → Option (Named B))
@@ -167,4 +167,4 @@ pub admit-lawful : {B C I P R D H G U : Type 0} (w : Workings B C I P R D H G U)
     → IsOutside before now e
 admit-lawful w stored base p failed register m event before now working s may e (inl is) was never = absurd (true≢false (sym (was is).0 ∙ working))
 admit-lawful w stored base p failed register m event before now working s may e (inr is) was never =
-    absurd (true≢false (sym may ∙ never is p s.registered (s.at working).up_is))
+    absurd (true≢false (sym may ∙ never is p s.registered ((s.at working).up_is ∙ (s.at working).open_is)))

@@ -48,7 +48,7 @@ module _ {B C I P R D H G U : Type 0} (w : Workings B C I P R D H G U) (laws : L
   -- an event that is no restart and may come
   module _ (on : IsRestart v → ⊥) (may : may_come (numbered w.kind.count) p v ≡ true) where
     up : m.loop.up ≡ true
-    up = s.up_is ∙ ap (λ x. not x) (may_come-up (numbered w.kind.count) p v on may)
+    up = s.up_is ∙ s.open_is ∙ ap (λ x. not x) (may_come-up (numbered w.kind.count) p v on may)
 
     h : IsUpAt w stored base p m
     h = (s.up up).0

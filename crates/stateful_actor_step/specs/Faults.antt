@@ -1,5 +1,5 @@
 -- Why an event is refused.
-use Rattle.std.specs.Prelude.{◌≡◌, ◌≤◌, ℕ, Bool, true, false, not, Option}
+use Rattle.std.specs.Prelude.{◌≡◌, ◌≤◌, ◌<◌, ◌^◌, ℕ, Bool, true, false, not, Option}
 use Rattle.stateful_base.specs.Causes.{Rose}
 use Rattle.stateful_base.specs.Names.{Named}
 use Rattle.stateful_history.specs.Live.{may_come}
@@ -8,6 +8,7 @@ use Rattle.stateful_history.specs.Past.{Past}
 use Rattle.stateful_history.specs.declared.event.Event.{Event}
 use Rattle.stateful_history.specs.declared.event.Event.TheVariants.{Restart}
 use Rattle.stateful_exec_model.specs.Workings.{Workings}
+use Rattle.stateful_exec_tables.specs.Tables.{Rises}
 use Rattle.stateful_actor_register.specs.Register.{RegisterStands}
 use Rattle.stateful_actor_register.specs.declared.register.Register.{Register}
 use Rattle.stateful_loop_model.specs.Causes.{FaultsRule}
@@ -32,6 +33,18 @@ tally application databases = record { application = application; databases = da
 pub record HasNotFallen (before now : Tally) : Type 0 where
   pub application : before.application ≤ now.application
   pub databases : (i : ℕ) → before.databases i ≤ now.databases i
+
+-- of fewer than 2^64 databases the count of none rose
+pub record NoneFailed (count : ℕ) (before now : Tally) : Type 0 where
+  pub few : count < 2 ^ 64
+  pub none : (i : ℕ) → i < count → Rose (before.databases i) (now.databases i) → ⊥
+
+-- no count falls, and neither does the number of the next job, fetch or barrier
+pub record NeverFalls {B C I P R D H G U : Type 0} {w : Workings B C I P R D H G U}
+    (before now : Tally) (m later : Moment w) : Type 0 where
+  pub faults : HasNotFallen before now
+  pub numbers : Rises m.execution.state later.execution.state
+  pub barriers : m.loop.next_barrier ≤ later.loop.next_barrier
 
 module _ {B C I P R D H G U : Type 0} (w : Workings B C I P R D H G U)
     (stored : ℕ → Option (Named B))

@@ -8,11 +8,15 @@
 #![tactic(auto)]
 
 mod acting;
+mod admitting;
+mod inside;
 mod playing;
+mod reading;
 mod restarting;
 mod settling;
 mod stateful;
 mod step;
 mod stopping;
 
+pub use reading::Readable;
 pub use stateful::{Config, NewError, Stateful};

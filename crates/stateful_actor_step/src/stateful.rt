@@ -8,11 +8,12 @@ ghost use Rattle.stateful_actor_step.specs.Notes.{HasObserved};
 ghost use Rattle.stateful_actor_laws.specs.Machine.{IsNew, IsSafe};
 ghost use Rattle.stateful_actor_laws.specs.Media.{IsAsAtStart, MediaStand};
 
+use crate::inside::Core;
 use stateful_actor_register::Register;
 use stateful_base::{Anchor, Digest, Epoch, Height, OutOfMemory, Round, View};
 use stateful_db::{Application, DatabaseSet};
 use stateful_exec::{Handler, Processor, Worked};
-use stateful_loop::{Processing, ProcessingOf};
+use stateful_loop::Processing;
 use std::alloc::Global;
 use std::marker::Model;
 use thiserror::Error;
@@ -43,11 +44,7 @@ impl From<OutOfMemory> for NewError {
 #[derive(Drop)]
 pub struct Stateful<A: Application + Drop> {
     pub alloc: Global,
-    pub handler: Handler<A>,
-    pub processing: ProcessingOf<A>,
-    pub register: Register,
-    pub provider: A::Provider,
-    pub db_config: <A::Databases as DatabaseSet>::Config,
+    pub core: Core<A>,
     pub failed: bool,
     pub faults: u64,
 }
@@ -67,16 +64,16 @@ impl<A: Application + Drop> Model for Stateful<A> {
 
     ghost view = { λ s. record {
       application =
-          s.handler.application;
+          s.core.handler.application;
       execution =
-          executing s.handler;
+          executing s.core.handler;
       loop =
-          s.processing;
+          s.core.processing;
       register =
-          s.register;
+          s.core.register;
       provider =
-          s.provider;
-      config = s.db_config;
+          s.core.provider;
+      config = s.core.db_config;
       failed = s.failed;
       faults = s.faults;
     } };
@@ -129,11 +126,13 @@ impl<A: Application + Drop> Stateful<A> {
         let processor = Processor::new(alloc, application, NOWHERE)?;
         Ok(Stateful {
             alloc,
-            handler: Handler::new(processor)?,
-            processing: Processing::new(alloc, 0),
-            register: Register::new(alloc),
-            provider,
-            db_config,
+            core: Core {
+                handler: Handler::new(processor)?,
+                processing: Processing::new(alloc, 0),
+                register: Register::new(alloc),
+                provider,
+                db_config,
+            },
             failed: false,
             faults: 0,
         })
@@ -151,6 +150,6 @@ impl<A: Application + Drop> Stateful<A> {
     pub fn application(&self) -> &A
         ensures { result.now ≡ self.now.application }
     {
-        self.handler.application()
+        self.core.handler.application()
     }
 }

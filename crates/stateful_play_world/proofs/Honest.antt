@@ -19,8 +19,9 @@ use Rattle.stateful_actor.specs.declared.driving.Halted.{Halted}
 use Rattle.stateful_script_plan.specs.declared.plan.Planned.{Planned}
 use Rattle.stateful_script_plan.specs.Plan.{Outlined, ArePlanned, first, next, genesis, child, block_on, blocks_of, targets_after, states_after, first_outlined, next_outlined}
 use Rattle.stateful_script_plan.specs.Events.{BankEvent, restart, planned_at, ancestry_of, ticket_after, event_of, events_from, events_of}
-use Rattle.stateful_play_world.specs.Grounds.{Grounds, bank}
-use Rattle.stateful_play_world.specs.Driven.{AreTaken}
+use Rattle.stateful_actor_step.specs.Reading.{Node}
+use Rattle.stateful_play_world.specs.Grounds.{Grounds, bank, bank_counts}
+use Rattle.stateful_play_world.specs.Driven.{CameOf}
 
 all_or : {X : Type 0} (P : X → Type 0) (xs : List X) (i : ℕ) (d : X) → All P xs → P d → P (get_or xs i d)
 all_or P [] i d all none = none
@@ -104,15 +105,19 @@ module _ {Drafts Sealed Sets : Type 0} (g : Grounds Drafts Sealed Sets) (stored 
   entries_honest p (entry ∷ entries) q all =
       entries_honest (after (Came entry.event ∷ p) entry.marks) entries (after_honest (Came entry.event ∷ p) entry.marks (came_honest entry.event p (All-head (λ entry. IsHonestEvent entry.event) entry entries all) q)) (All-tail (λ entry. IsHonestEvent entry.event) entry entries all)
 
-  taken_honest : («end» : Option Halted) (events taken : List BankEvent) → AreTaken «end» events taken → All IsHonestEvent events → All IsHonestEvent taken
-  taken_honest None events taken are all = rw are all
-  taken_honest (Some halted) events taken are all = rw are.0 (All-take IsHonestEvent halted.at events all)
+  taken_honest : («end» : Option Halted) (events : List BankEvent) (start last : Node (bank g)) (entries : List (Entry BankBlock Round Ask))
+      → CameOf (bank g) stored tt bank_counts events start entries last «end» → All IsHonestEvent events
+      → All IsHonestEvent (map (λ entry. entry.event) entries)
+  taken_honest None events start last entries came all = rw came.0 all
+  taken_honest (Some halted) events start last entries came all = rw came.0.taken (All-take IsHonestEvent halted.at events all)
 
   -- where all events of the script, or some of the first, were taken in, their ancestries are honest
-  pub honest_play : (lines : List PlannedBlock) (outline : List (Outlined g.States)) (ls : List PlannedEvent) («end» : Option Halted) (entries : List (Entry BankBlock Round Ask))
-      → ArePlanned g.rules g.kind.target_of g.kind.initial lines outline → AreTaken «end» (events_of (blocks_of outline) ls) (map (λ entry. entry.event) entries)
+  pub honest_play : (lines : List PlannedBlock) (outline : List (Outlined g.States)) (ls : List PlannedEvent) («end» : Option Halted)
+      (start last : Node (bank g)) (entries : List (Entry BankBlock Round Ask))
+      → ArePlanned g.rules g.kind.target_of g.kind.initial lines outline
+      → CameOf (bank g) stored tt bank_counts (events_of (blocks_of outline) ls) start entries last «end»
       → IsHonest (setting (bank g) stored) (after_all [] entries)
-  honest_play lines outline ls «end» entries planned taken =
+  honest_play lines outline ls «end» start last entries planned came =
       let all = events_honest (blocks_of outline) ls (blocks_linked lines outline planned) in
-      let came = taken_honest «end» (events_of (blocks_of outline) ls) (map (λ entry. entry.event) entries) taken all in
-      entries_honest [] entries tt (all_front IsHonestEvent (λ entry. entry.event) entries came)
+      let taken = taken_honest «end» (events_of (blocks_of outline) ls) start last entries came all in
+      entries_honest [] entries tt (all_front IsHonestEvent (λ entry. entry.event) entries taken)

@@ -1,4 +1,3 @@
-pub mod Refused
 pub mod Starts
 pub mod Honest
 pub mod Carried

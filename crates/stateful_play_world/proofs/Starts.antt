@@ -1,12 +1,9 @@
 -- Where a play begins.
-use Rattle.std.proofs.Common.{◌≡◌, ℕ, Bool, List, Option, refl, sym, ap, ◌∙◌, subst}
+use Rattle.std.proofs.Common.{◌≡◌, ℕ, List, Option, refl, sym, ap, ◌∙◌}
 use Rattle.stateful_base.specs.Names.{Named}
 use Rattle.stateful_bank.specs.declared.block.BankBlock.{BankBlock}
-use Rattle.stateful_actor_register.specs.declared.register.Register.{Register}
 use Rattle.stateful_script.specs.declared.script.PlannedBlock.{PlannedBlock}
 use Rattle.stateful_script.specs.declared.script.PlannedEvent.{PlannedEvent}
-use Rattle.stateful_loop_model.specs.Moments.{Moment}
-use Rattle.stateful_actor_laws.specs.Machine.{IsNew}
 use Rattle.stateful_actor_laws.specs.Media.{IsAsAtStart}
 use Rattle.stateful_script_plan.specs.declared.plan.Planned.{Planned}
 use Rattle.stateful_script_plan.specs.Plan.{HaveOutline}
@@ -14,22 +11,8 @@ use Rattle.stateful_bank_app.specs.Fresh.{AreEmpty}
 use Rattle.stateful_script_plan.specs.Store.{store_of}
 use Rattle.stateful_script_plan.proofs.Heights.{genesis_stored}
 use Rattle.stateful_play_world.specs.Grounds.{Grounds, bank}
-use Rattle.stateful_play_world.specs.Play.{IsFirst}
 
 module _ {Drafts Sealed Sets : Type 0} (g : Grounds Drafts Sealed Sets) where
-  -- a play begins with a new machine and empty databases
-  pub begins_new : (failed : Bool) (register : Register) (first : Moment (bank g)) → IsNew (bank g) failed register first
-      → (databases : Sets) → g.Blank databases → first.members ≡ g.members databases → first.next ≡ g.next databases
-      → IsFirst g first
-  begins_new failed register first new databases blank members next = record {
-    register = register;
-    new = subst (λ (f : Bool). IsNew (bank g) f register first) new.working new;
-    databases = databases;
-    blank = blank;
-    members_are = members;
-    next_is = next;
-  }
-
   -- databases on empty media are as at the start
   pub empty_starts : (stored : ℕ → Option (Named BankBlock)) (lines : List PlannedBlock) (made : List Planned) (ls : List PlannedEvent)
       → HaveOutline g.rules g.kind.target_of g.kind.initial lines made → ((h : ℕ) → stored h ≡ store_of made ls h)

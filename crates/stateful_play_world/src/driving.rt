@@ -1,16 +1,14 @@
 //! Events, up to the first that is refused.
 
-ghost use Rattle.std.specs.Prelude.{◌≡◌, ◌↔◌, [], IfOk, IsTrue};
-ghost use Rattle.stateful_loop_model.specs.Moments.{moment};
+ghost use Rattle.std.specs.Prelude.{◌≡◌, ◌↔◌, IfOk, IsTrue};
 ghost use Rattle.stateful_actor_laws.specs.Machine.{IsNew};
-ghost use Rattle.stateful_actor_step.specs.Faults.{tally};
+ghost use Rattle.stateful_actor_step.specs.Reading.{node};
 ghost use Rattle.stateful_play_world.specs.Driven.{CameOf};
 
 use stateful_actor::{
-    Application, BlockStore, DatabaseSet, Driven, Event, Halt, Halted, OutOfMemory, Stateful,
-    StepError, drive,
+    Application, BlockStore, DatabaseSet, Driven, Event, Halt, Halted, OutOfMemory, Readable,
+    Stateful, StepError, drive,
 };
-use stateful_exec::Worked;
 use std::alloc::Global;
 
 /// Whether memory ran out.
@@ -29,26 +27,13 @@ pub fn drive_all<A: Application + Drop, S: BlockStore<A::Block>>(
     store: &mut S,
     events: Vec<Event<A::Block, A::Context, A::Input>>,
 ) -> Result<(Driven<A>, Option<Halted>), OutOfMemory>
-    requires new { let w = ⟦<A as Worked>⟧.workings in IsNew w stateful.failed stateful.register
-        (moment w stateful.execution stateful.loop
-        (A.Databases.members databases) (A.Databases.next databases) []) }
+    requires new { let r = ⟦<A as Readable>⟧.reading in IsNew r.workings stateful.failed
+        stateful.register (node r stateful databases).at }
     requires none_away { A.Databases.kind.NoneAway (A.Databases.members databases) }
-    ensures { IfOk result (λ told. let w = ⟦<A as Worked>⟧.workings in
-        CameOf w (S.stored store.old) stateful.provider
-        (record { run = A.Run.count; build = A.Build.count; hook = A.Hook.count }) stateful.failed
-        (moment w stateful.execution stateful.loop
-        (A.Databases.members databases) (A.Databases.next databases) [])
-        (tally (A.count stateful.application) (A.Databases.counted databases))
-        events.items told.0.history.items
-        (record {
-          failed = told.0.stateful.failed;
-          register = told.0.stateful.register;
-          last = moment w told.0.stateful.execution told.0.stateful.loop
-              (A.Databases.members told.0.databases) (A.Databases.next told.0.databases) [];
-          faults = tally (A.count told.0.stateful.application)
-              (A.Databases.counted told.0.databases);
-        })
-        told.1) }
+    ensures { IfOk result (λ told. let r = ⟦<A as Readable>⟧.reading in
+        CameOf r.workings (S.stored store.old) stateful.provider r.counts events.items
+        (node r stateful databases) told.0.history.items
+        (node r told.0.stateful told.0.databases) told.1) }
 {
     match drive(alloc, stateful, databases, store, events) {
         Ok(driven) => Ok((driven, None)),

@@ -1,8 +1,5 @@
 use Rattle.std.proofs.Common.{◌≡◌, ◌++◌, false, [], map}
-use Rattle.stateful_history.specs.Met.{TrueNames}
 use Rattle.stateful_history.specs.Past.{after_all}
-use Rattle.stateful_history.specs.Honest.{HasHonestStore}
-use Rattle.stateful_exec_laws.specs.Setting.{setting}
 use Rattle.stateful_loop_laws.specs.Media.{TargetsRise}
 use Rattle.stateful_actor_register.specs.Register.{RegisterStands}
 use Rattle.stateful_exec_model.specs.Workings.{workings}
@@ -10,6 +7,7 @@ use Rattle.stateful_loop_model.specs.Moments.{moment}
 use Rattle.stateful_loop_model.specs.Noted.{noted_all}
 use Rattle.stateful_actor_laws.specs.Entering.{Steps}
 use Rattle.stateful_actor_step.specs.Faults.{tally, HasNotFallen}
+use Rattle.stateful_actor_step.specs.Step.{WorldIsTrue}
 use Rattle.stateful_actor_step.specs.Notes.{HasObserved, applied_along}
 use Rattle.stateful_actor_laws.specs.Machine.{IsSafe, numbered}
 use Rattle.stateful_actor_laws.specs.Media.{MediaStand}
@@ -33,8 +31,7 @@ invariant-loop-event g l =
       media : w.States
           → MediaStand w (g.S.BlockStore.stored l.fn.store) [] l.fn.stateful.failed
           (moment w l.fn.stateful.execution l.fn.stateful.loop (D.members l.fn.databases) (D.next l.fn.databases) [])
-          → TrueNames (setting w (g.S.BlockStore.stored l.fn.store)) (after_all [] l.driven.history.items)
-          → HasHonestStore g.A.Block.Block.header (g.S.BlockStore.stored l.fn.store) (after_all [] l.driven.history.items)
+          → WorldIsTrue w (g.S.BlockStore.stored l.fn.store) (after_all [] l.driven.history.items)
           → TargetsRise w (g.S.BlockStore.stored l.fn.store)
           → MediaStand w (g.S.BlockStore.stored l.fn.store) (after_all [] l.driven.history.items) l.driven.stateful.failed
           (moment w l.driven.stateful.execution l.driven.stateful.loop (D.members l.driven.databases) (D.next l.driven.databases) []);

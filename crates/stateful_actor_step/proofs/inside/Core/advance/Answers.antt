@@ -10,7 +10,8 @@ use Rattle.stateful_actor_step.specs.Faults.{going}
 use Rattle.stateful_loop_model.proofs.NotesFollowing.{error_is, both_ok, NotesFollow-then}
 use Rattle.stateful_actor_step.proofs.NotesOfEvents.{taken_follow, taken_observed, taken_reached}
 use Rattle.stateful_actor_step.specs.Notes.{taking as notes_taking}
-use Rattle.stateful_actor_step.proofs.playing.advance.Goals as goal
+use Rattle.stateful_actor_step.proofs.Counts.{NeverFalls-further}
+use Rattle.stateful_actor_step.proofs.inside.Core.advance.Goals as goal
 
 pub settle-requires-clause-none_away : goal.settle-requires-clause-none_away
 settle-requires-clause-none_away g c =
@@ -61,7 +62,7 @@ returns-clause-notes g c =
     let D = g.A.Databases.DatabaseSet in
     let w = workings g.A.Block.Block.header g.A.Block.Block.context_of g.A.Context.Rounded.round_of g.A.Application.works D.kind D.shows in
     let stored = g.S.BlockStore.stored c.args.store.now in
-    let m = moment w (executing c.args.handler.now) c.args.processing.now (D.members c.args.databases.now)
+    let m = moment w (executing c.args.self.now.handler) c.args.self.now.processing (D.members c.args.databases.now)
     (D.next c.args.databases.now) c.args.marks.now.items in
     let taken = moment w (executing c.take_in.new.handler) c.take_in.new.processing (D.members c.take_in.new.databases)
     (D.next c.take_in.new.databases) c.take_in.new.marks.items in
@@ -75,25 +76,40 @@ returns-clause-observed g c =
     let D = g.A.Databases.DatabaseSet in
     let w = workings g.A.Block.Block.header g.A.Block.Block.context_of g.A.Context.Rounded.round_of g.A.Application.works D.kind D.shows in
     let stored = g.S.BlockStore.stored c.args.store.now in
-    let m = moment w (executing c.args.handler.now) c.args.processing.now (D.members c.args.databases.now)
+    let m = moment w (executing c.args.self.now.handler) c.args.self.now.processing (D.members c.args.databases.now)
     (D.next c.args.databases.now) c.args.marks.now.items in
     let taken = moment w (executing c.take_in.new.handler) c.take_in.new.processing (D.members c.take_in.new.databases)
     (D.next c.take_in.new.databases) c.take_in.new.marks.items in
     let stay = c.in_ok-take_in.ensures.notes (λ is. cc) in
-    let now = moment w (executing c.settle.new.handler) c.settle.new.processing (D.members c.settle.new.databases)
+    let now = moment w (executing c.settle.new.self.handler) c.settle.new.self.processing (D.members c.settle.new.databases)
     (D.next c.settle.new.databases) c.settle.new.marks.items in
     both_ok c.settle.result c.settle.ensures.ok c.settle.ensures.sound
-    (λ settles sound none. taken_observed w stored c.args.provider _ c.args.event.now m taken now c.in_ok-take_in.ensures.ok settles sound none)
+    (λ settles sound none. taken_observed w stored c.args.self.now.provider _ c.args.event.now m taken now c.in_ok-take_in.ensures.ok settles sound none)
 
 pub returns-clause-noted : goal.returns-clause-noted
 returns-clause-noted g c =
     let D = g.A.Databases.DatabaseSet in
     let w = workings g.A.Block.Block.header g.A.Block.Block.context_of g.A.Context.Rounded.round_of g.A.Application.works D.kind D.shows in
     let stored = g.S.BlockStore.stored c.args.store.now in
-    let m = moment w (executing c.args.handler.now) c.args.processing.now (D.members c.args.databases.now)
+    let m = moment w (executing c.args.self.now.handler) c.args.self.now.processing (D.members c.args.databases.now)
     (D.next c.args.databases.now) c.args.marks.now.items in
     let taken = moment w (executing c.take_in.new.handler) c.take_in.new.processing (D.members c.take_in.new.databases)
     (D.next c.take_in.new.databases) c.take_in.new.marks.items in
     let stay = c.in_ok-take_in.ensures.notes (λ is. cc) in
     on_err c.settle.result _ _ c.settle.ensures.noted
-    (λ e settling other. taken_reached w stored c.args.provider g.A.Application.works.noted _ c.args.event.now _ _ _ m taken c.in_ok-take_in.ensures.ok stay (settling other))
+    (λ e settling other. taken_reached w stored c.args.self.now.provider g.A.Application.works.noted _ c.args.event.now _ _ _ m taken c.in_ok-take_in.ensures.ok stay (settling other))
+
+pub returns-in_err-take_in-clause-never_falls : goal.returns-in_err-take_in-clause-never_falls
+returns-in_err-take_in-clause-never_falls g c = record {
+  faults = record { application = c.in_err-take_in.ensures.application; databases = c.in_err-take_in.ensures.later };
+  numbers = c.in_err-take_in.ensures.numbers;
+  barriers = c.in_err-take_in.ensures.barrier;
+}
+
+pub returns-clause-never_falls : goal.returns-clause-never_falls
+returns-clause-never_falls g c = NeverFalls-further _ _ _ _ _ _
+    (record {
+      faults = record { application = c.in_ok-take_in.ensures.application; databases = c.in_ok-take_in.ensures.later };
+      numbers = c.in_ok-take_in.ensures.numbers;
+      barriers = c.in_ok-take_in.ensures.barrier;
+    }) c.settle.ensures.never_falls

@@ -4,7 +4,7 @@ use Rattle.stateful_history.specs.declared.mark.Mark.{Mark}
 use Rattle.stateful_actor_register.specs.Register.{RegisterStands}
 use Rattle.stateful_actor_register.proofs.Entries.{RegisterStands-same}
 use Rattle.stateful_actor_laws.specs.Machine.{numbered}
-use Rattle.stateful_actor_step.proofs.stopping.end_work.Goals as goal
+use Rattle.stateful_actor_step.proofs.inside.Core.end_work.Goals as goal
 
 pub returns : goal.returns
 returns g c = λ p stands.
